@@ -104,7 +104,7 @@ BUFFERS = b"g 12 8 flags\ng 16 1 late\nl 0 0 16 tile\n"
 MOST = 5_000
 
 # how an access of a history is ordered with those above it, in a line of text and in one of JSON
-ORDER = re.compile(rb"( races with .*?)? behind (none|all( others)?( but .*?)?)(?= at |$)")
+ORDER = re.compile(rb"( races with .*?)? ordered after (none|all( others)?( but .*?)?)(?= at |$)")
 ORDER_KEYS = ("behind", "races_with", "unordered_with")
 
 

@@ -11,7 +11,7 @@ READ, WRITE = 0, 1
 GLOBAL, LOCAL = 0, 1
 NO_BARRIER = "nothing orders the two; a barrier with CLK_{}_MEM_FENCE between them would"
 NO_HAND_OVER = "nothing orders the two; a release that an acquire takes, at memory_scope_device, would"
-WIDER_SCOPE = "with memory_scope_device at every atomic the two would be no race"
+WIDER_SCOPE = "if every atomic had memory_scope_device, the two would not race"
 
 # what two accesses do that race, whatever their scope, and whether or not they are of one group
 RACING = [
@@ -154,8 +154,8 @@ class SideFiles(ProgramTest):
 
     def test_history_by_side_files_of_5_MB(self):
         self.put("one_item", header(0, 2) + access(1, READ, GLOBAL, 16) + access(1, WRITE, GLOBAL, 16) + END)
-        wanted = b"buffer flags[4]\naccess 0 1 0 read record 0 phase 0 behind none at kernel.cl:9:3\n"
-        wanted += b"access 0 1 1 write record 1 phase 0 behind all\nend accesses 2 held 0 races no\n"
+        wanted = b"buffer flags[4]\naccess 0 1 0 read record 0 phase 0 ordered after none at kernel.cl:9:3\n"
+        wanted += b"access 0 1 1 write record 1 phase 0 ordered after all\nend accesses 2 held 0 races no\n"
         self.assert_run(self.gpurace("history", "--places", "places", "--buffers", "buffers", "g", "16", "one_item"), wanted, 0)
 
 
@@ -271,9 +271,9 @@ class Histories(ProgramTest):
             others, unordered = list(itertools.islice(of_others, 8)), number - len(names)
             races = named(" races with", others, unordered) if unordered and kind == "write" else ""
             all_but = named(" but", others, unordered) if unordered and not races else ""
-            behind = f" behind all{' others' if races else ''}{all_but}" if names else " behind none"
+            after = f" ordered after all{' others' if races else ''}{all_but}" if names else " ordered after none"
             record = record_of(item, index)
-            self.assertEqual(line, f"access {group} {item} {index} {kind} record {record} phase 0{races}{behind}")
+            self.assertEqual(line, f"access {group} {item} {index} {kind} record {record} phase 0{races}{after}")
             names.append(f"{group} {item} {index}")
 
     def test_2000_writes_of_two_items(self):
@@ -291,7 +291,7 @@ class Histories(ProgramTest):
 
     def test_2000_accesses_of_one_item(self):
         self.put("writes", header(0, 1) + access(0, WRITE, GLOBAL, 16) * 2_000 + END)
-        wanted = b"access 0 0 0 write record 0 phase 0 behind none\naccess 0 0 1 to 1999 write record 1 to 1999 phase 0 behind all\n"
+        wanted = b"access 0 0 0 write record 0 phase 0 ordered after none\naccess 0 0 1 to 1999 write record 1 to 1999 phase 0 ordered after all\n"
         self.assert_run(self.gpurace("history", "g", "16", "writes"), wanted + b"end accesses 2000 held 0 races no\n", 0)
 
     def test_262144_items_that_count(self):
@@ -318,8 +318,8 @@ class Histories(ProgramTest):
             before[0] = struct.pack("<HHI", group - 1, 255, 0) if group else access(0, 0, 0, 0)[12:]
             adds = (b"\x04\x00\x02\x04" + access(item, 0, GLOBAL, 16)[4:12] + before[item] for item in items)
             streams.append(b"GRT3" + header(group, 256)[4:] + b"".join(adds) + END)
-            wanted += (f"access {group} {item} 0 rmw dev both record {item} phase 0 behind all\n" for item in items)
-        wanted[0] = "access 0 0 0 rmw dev both record 0 phase 0 behind none\n"
+            wanted += (f"access {group} {item} 0 rmw dev both record {item} phase 0 ordered after all\n" for item in items)
+        wanted[0] = "access 0 0 0 rmw dev both record 0 phase 0 ordered after none\n"
         self.put("turns", b"".join(streams))
         wanted.append("end accesses 65536 held 0 races no\n")
         self.assert_run(self.gpurace("history", "g", "16", "turns"), "".join(wanted).encode(), 0)
@@ -332,14 +332,14 @@ class Chains(ProgramTest):
         """Each of 2,500 items waits for a release of the one before it, and the first for one that is not there."""
         items = [divmod(number, 256) for number in range(2_500)]
         texts = [f"group {group} items 256 launch 7\n" for group in range(10)]
-        links = ["held 0 0 0 absent 9 255 0\n", "held 0 0 1 behind 0 0 0\n"]
+        links = ["held 0 0 0 absent 9 255 0\n", "held 0 0 1 after 0 0 0\n"]
         names = ["9 255 0"] + [f"{group} {item} 0" for group, item in items]
         for number, (group, item) in enumerate(items):
             texts[group] += f"{item} ld g {number} dev acq < {names[number]}\n{item} st g {number + 1} dev rel\n"
             if number:
                 before = " ".join(map(str, items[number - 1]))
                 links.append(f"held {group} {item} 0 release {before} 1\n")
-                links.append(f"held {group} {item} 1 behind {group} {item} 0\n")
+                links.append(f"held {group} {item} 1 after {group} {item} 0\n")
         files = [self.put(f"group{group}", pack(f"{text}end\n")).name for group, text in enumerate(texts)]
         self.assertEqual(len(links), 5_000)
         self.assert_run(self.gpurace("why-held", *items[-1], 1, *files), "".join(reversed(links)).encode(), 1)
@@ -348,5 +348,5 @@ class Chains(ProgramTest):
         files = [self.put(f"group{group}", header(group, 1) + END).name for group in range(40)]
         text = "0 ld g 20 dev acq < 40 3 0\n0 st g 24 dev rel\n1 ld g 24 dev acq < 40 0 0\n1 r g 16\n"
         files.append(self.put("group40", pack(f"group 40 items 4 launch 7\n{text}end\n")).name)
-        links = "held 40 1 1 behind 40 1 0\nheld 40 1 0 release 40 0 1\nheld 40 0 1 behind 40 0 0\nheld 40 0 0 absent 40 3 0\n"
+        links = "held 40 1 1 after 40 1 0\nheld 40 1 0 release 40 0 1\nheld 40 0 1 after 40 0 0\nheld 40 0 0 absent 40 3 0\n"
         self.assert_run(self.gpurace("why-held", 40, 1, 1, *files), links.encode(), 1)

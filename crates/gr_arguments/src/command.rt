@@ -203,10 +203,10 @@ An access is written as GROUP ITEM INDEX; the records of an item are counted fro
 by its first access and then by its second.
 
 With --long more lines follow the line of a race. They say what each of the two accesses is, with the number of its record in
-the stream of its group, from 0, and how many barriers of its item come before it. Then they say what is between the two, if
+the stream of its group, from 0, and the phase: how many barriers of its item come before it. Then they say what is between the two, if
 anything is: each barrier of their group that comes before only one of them, a release after either, and an acquire before the
 other. Then comes the cause of the race, and after it further races of the word. With --buffers there is also the buffer of
-the word, and with --places the place in the source of each of these records, and by its site of each barrier, if the files have it.
+the word, and with --places the places in the source of these records and, by their sites, of the barriers, if the files have them.
 Below a word without a race is how many accesses to it are held: these are not judged, since an unmatched acquire holds them back.
 
 If a file of buffers is given, or a folder has one, a word may be given by its name in place of SPACE and WORD, as in
@@ -224,7 +224,7 @@ With side files, whose lines say where records and barriers are in the source an
   first write record 0 phase 0 at flag.cl:3:19
   second read record 3 phase 1 at flag.cl:6:19
   barrier 0 site 1 l at flag.cl:4:5
-  cause flags: with CLK_LOCAL_MEM_FENCE | CLK_GLOBAL_MEM_FENCE at every barrier the two would be ordered",
+  cause flags: if every barrier had CLK_LOCAL_MEM_FENCE | CLK_GLOBAL_MEM_FENCE, the two would be ordered",
         parameters: &[
             Parameter::Flag("long", LONG),
             Parameter::Valued("places", "FILE", LONG_PLACES),
@@ -288,8 +288,8 @@ An access is written as GROUP ITEM INDEX; the records of an item are counted fro
 Example, with side files, whose lines say where accesses are in the source and which words are which buffer:
   gpurace history --places places --buffers buffers l0 4 group*.gpurace
   buffer tile[4]
-  access 0 0 0 write record 0 phase 0 behind none at scan.cl:12:5
-  access 0 1 1 read record 3 phase 1 behind all at scan.cl:14:9
+  access 0 0 0 write record 0 phase 0 ordered after none at scan.cl:12:5
+  access 0 1 1 read record 3 phase 1 ordered after all at scan.cl:14:9
   end accesses 2 held 0 races no",
         parameters: &[
             Parameter::Valued("places", "FILE", PLACES),
@@ -348,27 +348,27 @@ Example:
     Page {
         name: "why-held",
         usage: WHY_HELD_USAGE,
-        about: "Reports why an event is held",
+        about: "Reports why a record is held",
         long_about: Some(
             "\
-Reports why an event is held, and so not judged: what it waits for, what that waits for, and so on, up to an acquire that names a
-release that is not there, or to events that wait for one another in a circle. An event is written as GROUP ITEM INDEX, as the report
-writes an unmatched acquire; the records of an item are counted from 0.
+Reports why a record is held, and so not judged: what it waits for, what that waits for, and so on, up to an acquire that names a
+release that is not there or is on another word, or to records that wait for one another in a circle. A record is written as GROUP ITEM
+INDEX, as the report writes an unmatched acquire; the records of an item are counted from 0.
 
-The status is 1 if the event is held, and else 0.",
+The status is 1 if the record is held, and else 0.",
         ),
         example: "\
 Example:
   gpurace why-held 0 1 1 group*.gpurace
-  held 0 1 1 behind 0 1 0
+  held 0 1 1 after 0 1 0
   held 0 1 0 release 0 0 1
-  held 0 0 1 behind 0 0 0
+  held 0 0 1 after 0 0 0
   held 0 0 0 absent 0 3 0",
         parameters: &[
             Parameter::Flag("json", JSON),
-            Parameter::Wanted("GROUP", "The number of the event's work-group"),
+            Parameter::Wanted("GROUP", "The number of the record's work-group"),
             Parameter::Wanted("ITEM", "The number of its work-item in the group"),
-            Parameter::Wanted("INDEX", "The number of its record in the work-item's trace"),
+            Parameter::Wanted("INDEX", "Its number in the trace of the work-item"),
             Parameter::Files,
         ],
     },

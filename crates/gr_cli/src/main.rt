@@ -72,10 +72,10 @@ fn conclude(
 ) -> u8 {
     match outcome {
         Ok(status) => {
-            if status <= REFUSED {
+            if matches!(status, NOTHING | FOUND | REFUSED) {
                 let _ = plan.note_answer(status == REFUSED, errors);
             }
-            if let (Some(note), NOTHING | FOUND) = (&plan.note, status) {
+            if let (Some(note), NOTHING | FOUND) = (&plan.name_note, status) {
                 let _ = writeln!(errors, "gpurace: {}", Escaped(note.as_str()));
             }
             status

@@ -1,11 +1,14 @@
 //! A check of files as JSON.
 
 use crate::values::{Text, line_of};
+use gr_model::memory::Memory;
 use gr_places::checking::Checked;
 use gr_places::counts::Counts;
 use gr_places::fault_places::FaultPlace;
 use gr_places::sentences::wrong_and_right;
 use gr_places::spot::Spot;
+use gr_record::fault::Fault;
+use gr_report::put_fault;
 use serde::Serialize;
 use std::alloc::Global;
 
@@ -54,10 +57,11 @@ enum PlaceObject<'a> {
     },
 }
 
-/// Where the fault of files is, if it is in a stream or a group, what would be right and what is wrong.
+/// The fault of files, where it is, if it is in a stream or a group, what would be right and what is wrong.
 #[derive(Drop, Serialize)]
 struct RefusedLine<'a> {
     accepted: bool,
+    fault: &'a str,
     place: Option<PlaceObject<'a>>,
     right: &'static str,
     #[serde(rename = "type")]
@@ -100,6 +104,23 @@ fn place_object(place: FaultPlace<'_>) -> Option<PlaceObject<'_>> {
     }
 }
 
+/// The line of a check that refuses files.
+fn refused_json(alloc: Global, fault: Fault, place: FaultPlace<'_>) -> Text {
+    let mut written = Vec::new(alloc);
+    put_fault(&mut written, fault).map_err(|_| Memory)?;
+    let text = str::from_utf8(written.as_slice()).unwrap_or("");
+    let (wrong, right) = wrong_and_right(fault);
+    let line = RefusedLine {
+        accepted: false,
+        fault: text.trim_end().trim_start_matches("gpurace: "),
+        place: place_object(place),
+        right,
+        line: "check",
+        wrong,
+    };
+    line_of(alloc, &line)
+}
+
 /// The line of a check: how large the launch is, or where its fault is, what is wrong and what would be right.
 ///
 /// # Errors
@@ -125,16 +146,6 @@ pub fn check_json(alloc: Global, checked: &Checked<'_>) -> Text {
             };
             line_of(alloc, &line)
         }
-        Checked::Refused { fault, place } => {
-            let (wrong, right) = wrong_and_right(fault);
-            let line = RefusedLine {
-                accepted: false,
-                place: place_object(place),
-                right,
-                line: "check",
-                wrong,
-            };
-            line_of(alloc, &line)
-        }
+        Checked::Refused { fault, place } => refused_json(alloc, fault, place),
     }
 }

@@ -1,7 +1,7 @@
 //! The races of a launch kind by kind as JSON.
 
 use crate::race::{CrossingObject, crossing_object};
-use crate::report::{cut_line, diverge_line, end_line};
+use crate::report::{cut_line, diverge_line, end_line, unmatched_line};
 use crate::values::{
     AccessObject, ElementObject, Text, WordObject, access_object, buffer_object, push_line,
     push_lines,
@@ -112,7 +112,7 @@ fn push_kind(
     });
     let line = KindLine {
         kind: KindObject {
-            all_write_here: kind.all_write_here(),
+            all_write_here: kind.both_write_here(),
             first: operation_name(kind.first.operation),
             one_group: kind.one_group,
             second: operation_name(kind.second.operation),
@@ -151,8 +151,8 @@ fn push_arrivals(
     push_line(text, &line)
 }
 
-/// The groups of a launch that are cut, its divergent barriers, its races kind by kind, at most `most` kinds, with what side files say
-/// about them, and an end that counts all of them and all other findings, as lines of JSON.
+/// The groups of a launch that are cut, its divergent barriers, its unmatched acquires, its races kind by kind, at most `most` kinds, with
+/// what side files say about them, and an end that counts all of them, as lines of JSON.
 ///
 /// # Errors
 /// `Memory`: out of memory.
@@ -167,6 +167,7 @@ pub fn races_json(
     push_lines(&mut text, found.report.cut.as_slice(), cut_line)?;
     push_lines(&mut text, found.report.divergences.as_slice(), diverge_line)?;
     push_arrivals(&mut text, &places, found)?;
+    push_lines(&mut text, found.report.unmatched.as_slice(), unmatched_line)?;
     for entry in found.at_most(most) {
         push_kind(&mut text, sides, &places, entry)?;
     }

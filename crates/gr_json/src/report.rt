@@ -1,7 +1,7 @@
 //! The report of a launch as JSON: a line for how large the launch is, a line for each finding, and the end.
 
 use crate::values::{EventObject, Text, WordObject, push_line, push_lines};
-use gr_model::report::Divergence;
+use gr_model::report::{Divergence, Unmatched};
 use gr_races::names::{acquire_name, divergence_name};
 use gr_report::report::Report;
 use serde::Serialize;
@@ -45,7 +45,7 @@ pub(crate) struct DivergeLine {
 
 /// An unmatched acquire.
 #[derive(Drop, Serialize)]
-struct UnmatchedLine {
+pub(crate) struct UnmatchedLine {
     cause: &'static str,
     event: EventObject,
     #[serde(rename = "type")]
@@ -78,6 +78,15 @@ pub(crate) fn diverge_line(divergence: &Divergence) -> DivergeLine {
         group: divergence.group,
         instance: divergence.instance,
         line: "diverge",
+    }
+}
+
+/// The line of an unmatched acquire.
+pub(crate) fn unmatched_line(acquire: &Unmatched) -> UnmatchedLine {
+    UnmatchedLine {
+        cause: acquire_name(acquire.cause),
+        event: acquire.event.into(),
+        line: "unmatched",
     }
 }
 
@@ -117,11 +126,7 @@ pub fn report_json<A: Allocator>(alloc: Global, report: &Report<A>) -> Text {
         push_line(&mut text, &RaceLine { line, word })?;
     }
     push_lines(&mut text, report.divergences.as_slice(), diverge_line)?;
-    for acquire in report.unmatched.as_slice() {
-        let (cause, event) = (acquire_name(acquire.cause), acquire.event.into());
-        let line = "unmatched";
-        push_line(&mut text, &UnmatchedLine { cause, event, line })?;
-    }
+    push_lines(&mut text, report.unmatched.as_slice(), unmatched_line)?;
     push_line(&mut text, &end_line(report, races.len(), None))?;
     Ok(text)
 }

@@ -40,7 +40,7 @@ fn in_stream(error: RecordError) -> (&'static str, &'static str) {
             "after the end of a stream the file ends, or the header of the next stream follows",
         ),
         RecordError::Truncated => (
-            "the file ends before the header, this record or the end is whole",
+            "the file ends inside a header or a record, or before the end of its stream",
             "the last record is an end, whose byte 1 is 1 if records were lost; often the producer was stopped, or is still writing",
         ),
         RecordError::TooManyRecords => (

@@ -35,7 +35,16 @@ fn put_spot<W: Write>(writer: &mut W, spot: Option<Spot>) -> io::Result<()> {
         None => Ok(()),
         Some(Spot::Header) => writeln!(writer, "header byte 0"),
         Some(Spot::Record { number, byte }) => writeln!(writer, "record {number} byte {byte}"),
-        Some(Spot::Behind { byte }) => writeln!(writer, "behind the end byte {byte}"),
+        Some(Spot::Behind { byte }) => writeln!(writer, "after the end, byte {byte}"),
+    }
+}
+
+/// What the other file is that a fault is about.
+fn label_of(fault: Fault) -> &'static str {
+    match fault {
+        Fault::SameGroup(_) => "same group in",
+        Fault::OtherLaunch(_) => "other launch in",
+        _ => "greater group in",
     }
 }
 
@@ -48,9 +57,9 @@ fn put_below<W: Write>(writer: &mut W, fault: Fault, place: FaultPlace<'_>) -> i
         }
         FaultPlace::Beside { file, beside, .. } => {
             put_file(writer, "file", file)?;
-            put_file(writer, "beside", beside)?;
+            put_file(writer, label_of(fault), beside)?;
         }
-        FaultPlace::Missing { beside, .. } => put_file(writer, "beside", beside)?,
+        FaultPlace::Missing { beside, .. } => put_file(writer, label_of(fault), beside)?,
         FaultPlace::Nothing => {}
     }
     let (wrong, right) = wrong_and_right(fault);

@@ -15,7 +15,7 @@ fn put_name<A: Allocator>(text: &mut String<A>, reason: &str, name: Name) -> Add
 fn put_link<A: Allocator>(text: &mut String<A>, link: &Link) -> Added {
     write!(text, "held {} ", EventText(link.event))?;
     match link.reason {
-        Reason::Behind(event) => writeln!(text, "behind {}", EventText(event)),
+        Reason::Behind(event) => writeln!(text, "after {}", EventText(event)),
         Reason::Release(event) => writeln!(text, "release {}", EventText(event)),
         Reason::Barrier(event) => writeln!(text, "barrier {}", EventText(event)),
         Reason::Absent(name) => put_name(text, "absent", name),

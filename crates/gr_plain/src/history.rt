@@ -60,10 +60,14 @@ fn put_named<A: Allocator + Copy>(text: &mut String<A>, before: &str, named: &Na
 fn put_standing<A: Allocator + Copy>(text: &mut String<A>, standing: &Standing<A>) -> Added {
     put_named(text, " races with", &standing.races)?;
     if standing.behind == 0 {
-        return write!(text, " behind none");
+        return write!(text, " ordered after none");
     }
     let is_alone = standing.races.count() == 0;
-    write!(text, " behind all{}", if is_alone { "" } else { " others" })?;
+    write!(
+        text,
+        " ordered after all{}",
+        if is_alone { "" } else { " others" }
+    )?;
     put_named(text, " but", &standing.unordered)
 }
 

@@ -82,9 +82,9 @@ impl<A: Allocator> PlacedText<'_, A> {
             0 => {}
             more => writeln!(self.text, "barrier and {more} more")?,
         }
-        self.put_half("release behind first", account.between.release)?;
+        self.put_half("release after first", account.between.release)?;
         self.put_half("acquire before second", account.between.acquire)?;
-        self.put_half("release behind second", account.between.release_back)?;
+        self.put_half("release after second", account.between.release_back)?;
         self.put_half("acquire before first", account.between.acquire_back)?;
         put_cause(&mut self.text, word, account.cause)?;
         self.put_others(&account.others)

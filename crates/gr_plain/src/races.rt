@@ -1,7 +1,8 @@
 //! The text of races, kind by kind.
 
-use crate::parts::{Added, WordText, put_cause, put_race, put_site};
+use crate::parts::{Added, EventText, WordText, put_cause, put_race, put_site};
 use gr_model::memory::Memory;
+use gr_model::report::Unmatched;
 use gr_places::escaped::Escaped;
 use gr_places::index::PlaceIndex;
 use gr_places::places::Placed;
@@ -10,12 +11,13 @@ use gr_races::between::Crossing;
 use gr_races::by_kind::RacesByKind;
 use gr_races::kinds::RaceKind;
 use gr_races::listing::KindEntry;
-use gr_races::names::{divergence_name, operation_name, space_name};
+use gr_races::names::{acquire_name, divergence_name, operation_name, space_name};
 use gr_races::runs::{Span, number_of, spans_of};
 use std::alloc::Allocator;
 use std::fmt::Display;
 
-/// How many runs of words, of items and of divergent barriers, and how many barriers that items came to, are shown at most.
+/// How many runs of words, of items and of divergent barriers, how many barriers that items came to, and how many unmatched acquires are
+/// shown at most.
 const MOST_RUNS: usize = 5;
 
 /// Adds the line of a kind, and how many words have it.
@@ -103,8 +105,8 @@ fn put_entry<A: Allocator>(
             writeln!(text, "{label} {}", Escaped(place))?;
         }
     }
-    if kind.all_write_here() {
-        writeln!(text, "note all items write here")?;
+    if kind.both_write_here() {
+        writeln!(text, "note both write here")?;
     }
     match kind.cause {
         None => Ok(()),
@@ -196,6 +198,18 @@ fn put_divergences<A: Allocator + Copy>(
     }
 }
 
+/// Adds the first of the unmatched acquires, since what waits for them is not judged, and how many more there are.
+fn put_unmatched<A: Allocator>(text: &mut String<A>, unmatched: &[Unmatched]) -> Added {
+    for acquire in unmatched.iter().take(MOST_RUNS) {
+        let (event, cause) = (EventText(acquire.event), acquire_name(acquire.cause));
+        writeln!(text, "unmatched {event} {cause}")?;
+    }
+    match unmatched.len().saturating_sub(MOST_RUNS) {
+        0 => Ok(()),
+        more => writeln!(text, "unmatched and {more} more"),
+    }
+}
+
 fn put_end<A: Allocator>(text: &mut String<A>, found: &RacesByKind<A>) -> Added {
     let (kinds, races, held) = (found.kinds.len(), found.races, found.report.held);
     let diverge = found.report.divergences.as_slice().len();
@@ -204,8 +218,8 @@ fn put_end<A: Allocator>(text: &mut String<A>, found: &RacesByKind<A>) -> Added 
     writeln!(text, "unmatched {unmatched} held {held}")
 }
 
-/// The text of the groups of a launch that are cut, its divergent barriers, its races kind by kind, at most `most` kinds, with what side
-/// files say about them, and an end that counts all of them.
+/// The text of the groups of a launch that are cut, its divergent barriers, its unmatched acquires, its races kind by kind, at most `most`
+/// kinds, with what side files say about them, and an end that counts all of them.
 ///
 /// # Errors
 /// `Memory`: out of memory.
@@ -221,6 +235,7 @@ pub fn races_text<A: Allocator + Copy>(
         writeln!(text, "cut {group}")?;
     }
     put_divergences(alloc, &mut text, &places, found)?;
+    put_unmatched(&mut text, found.report.unmatched.as_slice())?;
     for entry in found.at_most(most) {
         put_entry(&mut text, sides, &places, entry)?;
     }

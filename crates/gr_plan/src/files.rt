@@ -212,7 +212,7 @@ impl Files {
     }
 
     /// Where each stream of a reader begins. The reader is of what has this name. If its bytes are to be kept, it may have no end, and is read
-    /// up to its first fault.
+    /// up to its first fault, which is then kept in `refused`. `torn` keeps the first name whose last stream has no end.
     fn starts_of<R: Read>(
         &mut self,
         name: &str,
@@ -244,13 +244,13 @@ impl Files {
         Ok(self.names.push(name)?)
     }
 
-    /// Adds the name of what can't be opened or read. What was seen of the records is then not all.
+    /// Adds the name of what can't be opened or read. Not all records are seen then, so nothing is sought any more.
     fn add_unseen(&mut self, name: &str) -> Result<(), Memory> {
         self.seen.sought = None;
         self.add_name(name)
     }
 
-    /// Has a name open a piece. A name that has one keeps it.
+    /// Makes a name open this piece, unless it opens one already.
     fn add_piece(&mut self, name: String, piece: Piece) -> Result<(), Memory> {
         if !self.has_piece(name.as_str()) {
             self.pieces.insert(name, piece)?;
@@ -302,7 +302,8 @@ impl Files {
         }
     }
 
-    /// Adds the streams of the files of a folder, and its side files. A folder without streams stays a name.
+    /// Adds the streams of the files of a folder, and its side files. The name of its file of sites opens the places that are made from it.
+    /// A folder without streams stays a name.
     fn add_folder(&mut self, folder: &str) -> Result<(), Refusal> {
         let paths = paths_of_streams(self.rt, folder)?;
         if paths.is_empty() {

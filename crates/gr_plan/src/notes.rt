@@ -240,44 +240,55 @@ fn note_unread(
     writeln!(errors, "gpurace: {}", Escaped(reason.as_str()))
 }
 
-/// Writes where the fault of a stream is, if its file has a name, and what may have caused it.
-fn put(
-    to: &mut Stderr,
-    (stream, is_header): (u64, bool),
-    name: Option<&str>,
-    account: &Account,
-) -> io::Result<()> {
-    let record = account.records;
-    if let (Some(name), true) = (name, account.is_empty()) {
-        return note_file(name, "the file is empty", to);
+/// A stream at fault, and whether the fault is in its header.
+#[derive(Clone, Copy)]
+struct Faulty {
+    stream: u64,
+    is_header: bool,
+}
+
+/// Writes where in a file the fault of a stream is.
+fn put_place(to: &mut Stderr, faulty: Faulty, name: &str, account: &Account) -> io::Result<()> {
+    write!(to, "gpurace: {}: stream {}, ", Escaped(name), faulty.stream)?;
+    match account.header {
+        _ if faulty.is_header => writeln!(to, "at its header"),
+        _ if account.fault == Some(RecordError::AfterEnd) => writeln!(to, "after its end"),
+        Some(_) => writeln!(to, "at its record {}", account.records),
+        None => writeln!(to, "at its header"),
     }
-    if let Some(name) = name {
-        write!(to, "gpurace: {}: stream {stream}, ", Escaped(name))?;
-        match account.header {
-            _ if account.fault == Some(RecordError::AfterEnd) && !is_header => {
-                writeln!(to, "after its end")?;
-            }
-            Some(_) if !is_header => writeln!(to, "at its record {record}")?,
-            _ => writeln!(to, "at its header")?,
-        }
-    }
-    if is_header && account.is_text() {
-        let name = Escaped(name.unwrap_or("the input"));
-        if account.starts.is_empty() {
-            writeln!(
-                to,
-                "gpurace: {name} is a text, of which gpurace pack makes a trace"
-            )?;
-        } else {
-            writeln!(to, "gpurace: in {name} a text follows packed streams")?;
-        }
+}
+
+/// Writes what may have caused the fault of a stream, if that is known.
+fn put_reason(to: &mut Stderr, faulty: Faulty, name: &str, account: &Account) -> io::Result<()> {
+    let (Faulty { stream, is_header }, name) = (faulty, Escaped(name));
+    if is_header && account.is_text() && account.starts.is_empty() {
+        writeln!(
+            to,
+            "gpurace: {name} is a text, of which gpurace pack makes a trace"
+        )
+    } else if is_header && account.is_text() {
+        writeln!(to, "gpurace: in {name} a text follows packed streams")
     } else if !is_header && account.has_header_inside() {
+        let record = account.records;
         writeln!(
             to,
             "gpurace: stream {stream} is truncated: the next stream begins in its record {record}"
-        )?;
+        )
+    } else {
+        Ok(())
     }
-    Ok(())
+}
+
+/// Writes where the fault of a stream is, if its file has a name, and what may have caused it.
+fn put(to: &mut Stderr, faulty: Faulty, name: Option<&str>, account: &Account) -> io::Result<()> {
+    match name {
+        Some(name) if account.is_empty() => note_file(name, "the file is empty", to),
+        Some(name) => {
+            put_place(to, faulty, name, account)?;
+            put_reason(to, faulty, name, account)
+        }
+        None => put_reason(to, faulty, "the input", account),
+    }
 }
 
 /// The account of a file's one stream, up to its first record at fault; none if it can't be read again, or memory runs out.
@@ -296,12 +307,12 @@ fn account_again(plan: &Plan, name: &str) -> Option<Account> {
 
 /// Reports the fault of a stream that is read from a file of its own or from the input.
 fn note_stream(to: &mut Stderr, plan: &mut Plan, stream: u64, is_header: bool) -> io::Result<()> {
-    let number = stream as usize;
+    let (number, faulty) = (stream as usize, Faulty { stream, is_header });
     if let Some(name) = plan.files.names.get(number) {
         let name = name.as_str();
         return match account_again(plan, name) {
             None => writeln!(to, "gpurace: {}: stream {number}", Escaped(name)),
-            Some(account) => put(to, (stream, is_header), Some(name), &account),
+            Some(account) => put(to, faulty, Some(name), &account),
         };
     }
     let kept = mem::replace(&mut plan.reading.kept, Kept::Nothing);
@@ -315,7 +326,7 @@ fn note_stream(to: &mut Stderr, plan: &mut Plan, stream: u64, is_header: bool) -
     let start = account.starts.get(number).copied();
     let file = plan.reading.file_at(start.unwrap_or(account.passed));
     let name = file.map(|(name, _)| name);
-    put(to, (stream, is_header), name, &account)
+    put(to, faulty, name, &account)
 }
 
 /// Reports that `run` reads one stream of a pipe, if this one is of a pipe.

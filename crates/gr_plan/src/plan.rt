@@ -1,4 +1,4 @@
-//! How the words of a command line are done: the words for `gr_command`, its input, and what names open.
+//! How a command line is carried out: the words for `gr_command`, its input, and what names open.
 
 use crate::account::Account;
 use crate::files::{FileKind, Files, copies_of, file_kind, paths_of_streams};
@@ -19,7 +19,7 @@ use std::alloc::Global;
 use std::io::{self, IsTerminal, Stderr};
 use std::sync::Arc;
 
-/// How the words of a command line are done.
+/// How a command line is carried out.
 #[derive(Drop)]
 pub struct Plan {
     pub rt: HostRuntime,
@@ -28,7 +28,7 @@ pub struct Plan {
     pub reading: Reading,
     pub files: Files,
     /// A note about the name of a word, if other words have it, too.
-    pub note: Option<String>,
+    pub name_note: Option<String>,
 }
 
 /// Why nothing is done.
@@ -56,7 +56,7 @@ impl From<Fault> for Refusal {
     }
 }
 
-/// How the words of a command line are done. The program's name is not among them.
+/// How a command line is carried out. The program's name is not among its words.
 ///
 /// # Errors
 /// Why nothing is done.
@@ -68,7 +68,7 @@ pub fn plan_of(rt: HostRuntime, words: &[String]) -> Result<Plan, Refusal> {
         words: None,
         reading: Reading::new(rt, Vec::new(alloc), streams)?,
         files: Files::new(rt),
-        note: None,
+        name_note: None,
     };
     plan.take_words(words)?;
     Ok(plan)
@@ -173,7 +173,7 @@ impl Plan {
         let (word, note) = naming.word()?;
         let (space, number) = spelling_of(self.rt.alloc(), word).map_err(Memory::from)?;
         let before = [space.as_str(), number.as_str()];
-        self.note = note;
+        self.name_note = note;
         self.take_each(naming.line, &before, naming.files)
     }
 }

@@ -22,8 +22,8 @@ pub struct Sought {
     asked: Asked,
     /// How many accesses to the word, or records of the record's item, were seen.
     seen: u32,
-    /// Whether the group of the record, or of the word's local memory, was seen.
-    has_group: bool,
+    /// How many items the group of the record, or of the word's local memory, has, if it was seen.
+    items: Option<u16>,
     /// The first group that is cut and may have it, and how many such groups there are.
     cut: Option<(u16, u32)>,
 }
@@ -39,7 +39,7 @@ impl Sought {
         Some(Sought {
             asked,
             seen: 0,
-            has_group: false,
+            items: None,
             cut: None,
         })
     }
@@ -82,23 +82,30 @@ impl Sought {
                 "gpurace: records of {groups} groups were lost (the first is group {group})"
             )?,
         }
-        match (self.group(), self.asked) {
-            (Some(group), _) if !self.has_group => {
+        match (self.asked, self.group(), self.items) {
+            (_, Some(group), None) => {
                 writeln!(errors, "gpurace: the launch has no group {group}")
             }
-            (_, Asked::Record(EventId { at, .. })) => {
-                let (ItemId { group, item }, records) = (at, self.seen);
+            (Asked::Record(event), _, Some(items)) if items <= event.at.item => {
+                let ItemId { group, item } = event.at;
+                writeln!(
+                    errors,
+                    "gpurace: group {group} has no item {item}: its items are below {items}"
+                )
+            }
+            (Asked::Record(event), _, _) => {
+                let (ItemId { group, item }, records) = (event.at, self.seen);
                 writeln!(
                     errors,
                     "gpurace: item {item} of group {group} has fewer records: {records}"
                 )
             }
             _ if self.seen > 0 => Ok(()),
-            (_, Asked::Word(Word::Global(word))) => writeln!(
+            (Asked::Word(Word::Global(word)), _, _) => writeln!(
                 errors,
                 "gpurace: no record accesses word {word} of global memory"
             ),
-            (_, Asked::Word(Word::Local(group, word))) => writeln!(
+            (Asked::Word(Word::Local(group, word)), _, _) => writeln!(
                 errors,
                 "gpurace: no record accesses word {word} of group {group}'s local memory"
             ),
@@ -188,8 +195,10 @@ pub struct Seen {
 impl Seen {
     /// Passes the header of a stream.
     pub fn begin(&mut self, header: &Header) -> Result<(), Memory> {
-        if let Some(sought) = &mut self.sought {
-            sought.has_group |= sought.group() == Some(header.group);
+        if let Some(sought) = &mut self.sought
+            && sought.group() == Some(header.group)
+        {
+            sought.items = Some(header.items);
         }
         if let Some(sited) = &mut self.sited {
             sited.passed.clear();

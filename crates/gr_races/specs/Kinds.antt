@@ -55,8 +55,8 @@ abbrev pub is_of_tags : RaceKind → ℕ → ℕ → Bool
 is_of_tags k a b = ((tag_of k.first == a) && (tag_of k.second == b)) || ((tag_of k.first == b) && (tag_of k.second == a))
 
 -- both are writes, or both are stores, of one place in the source
-abbrev pub all_write_here : RaceKind → Bool
-all_write_here k = is_alike k && (is_some k.first.place && nat_lt (operation_number k.first.operation) 2)
+abbrev pub both_write_here : RaceKind → Bool
+both_write_here k = is_alike k && (is_some k.first.place && nat_lt (operation_number k.first.operation) 2)
 
 -- a race with the other event first
 abbrev pub turned : Race → Race

@@ -70,8 +70,8 @@ impl RaceKind {
     }
 
     /// Whether both accesses are plain writes, or both atomic stores, of one place in the source.
-    pub fn all_write_here(&self) -> bool
-        ensures { result ≡ spec.all_write_here self.now }
+    pub fn both_write_here(&self) -> bool
+        ensures { result ≡ spec.both_write_here self.now }
     {
         self.is_alike()
             && self.first.place.is_some()

@@ -76,11 +76,11 @@ pub fn cause_name(cause: Cause) -> &'static str {
 pub fn cause_sentence(word: Word, cause: Cause) -> &'static str {
     match (cause, word) {
         (Cause::Flags, _) => {
-            "with CLK_LOCAL_MEM_FENCE | CLK_GLOBAL_MEM_FENCE at every barrier the two would be ordered"
+            "if every barrier had CLK_LOCAL_MEM_FENCE | CLK_GLOBAL_MEM_FENCE, the two would be ordered"
         }
-        (Cause::Scope, _) => "with memory_scope_device at every atomic the two would be no race",
+        (Cause::Scope, _) => "if every atomic had memory_scope_device, the two would not race",
         (Cause::Divergence, _) => {
-            "between the two stands a barrier that not all work-items of the group meet alike"
+            "a barrier between the two is divergent: an item never comes to it, or comes with another site or flags"
         }
         (Cause::NoBarrier, Word::Global(_)) => {
             "nothing orders the two; a barrier with CLK_GLOBAL_MEM_FENCE between them would"

@@ -39,7 +39,8 @@ fn report_by<A: Allocator + Copy, T: Read>(
 /// Reads streams to their end, and makes the report on them.
 ///
 /// # Errors
-/// Those of `replay` but `Write`.
+/// The first fault of the streams from the left, as soon as it is met, then `MissingGroup`, then `Shape`; `Read` where the reader
+/// fails, or gives no end within 4,294,967,296 calls; `Memory`: out of memory.
 pub fn read_report<A: Allocator + Copy, T: Read>(
     alloc: A,
     reader: &mut T,
@@ -56,8 +57,8 @@ pub fn read_report<A: Allocator + Copy, T: Read>(
 /// those that wait are kept.
 ///
 /// # Errors
-/// Those of `read_joined`, the first fault of the streams as soon as it is met; `Write` where the writer fails, which then
-/// has a prefix of the text. At every other error nothing is written.
+/// Those of `read_report`; `Write` where the writer fails, which then has a prefix of the text. At every other error nothing
+/// is written.
 ///
 /// # Example
 /// ```rust
