@@ -5,9 +5,9 @@ fuzz_pairs.py [--launches N] [--seed S] [--program FILE]
 
 The launches are those of the examples and random ones, in which each event has a place of a few, or none. Of each racy word the pairs of
 an operation and a place that race have to be those of the kinds that `races` writes, each pair once, with two events that race, of two
-groups if there are such; the cause of each race has to be the first that applies (docs/OUTPUT.md, "explain --long"); and of the first
-divergent barrier each item has to be shown with what it came with. A launch of which anything else is shown is left in a file `different`
-of the working folder.
+groups if there are such; the cause of each race has to be the first that applies (docs/OUTPUT.md, "explain --long"); the divergent
+barriers and unmatched acquires have to be those of the report; and of the first divergent barrier each item has to be shown with what it
+came with. A launch of which anything else is shown is left in a file `different` of the working folder.
 """
 import argparse
 import json
@@ -22,6 +22,7 @@ sys.dont_write_bytecode = True
 
 from launch_model import (  # noqa: E402
     ATOMIC, Event, as_text, divergence, events_of, grounded_of, instances, launch_of, races_of, random_launch, relate,
+    report_of,
 )
 
 TOP = pathlib.Path(__file__).resolve().parent.parent
@@ -139,6 +140,17 @@ def wrong_arrivals(lines, sizes, traces, sites):
     return None
 
 
+def wrong_findings(lines, sizes, traces):
+    """What is wrong with the divergent barriers and unmatched acquires, or None."""
+    said = [f"diverge {line['group']} {line['instance']} {line['cause']}" for line in lines if line["type"] == "diverge"]
+    for line in lines:
+        if line["type"] == "unmatched":
+            event = line["event"]
+            said.append(f"unmatched {event['group']} {event['item']} {event['index']} {line['cause']}")
+    due = [line for line in report_of(sizes, traces).splitlines() if line.startswith(("diverge", "unmatched"))]
+    return None if said == due else f"the report has {due}: {said}"
+
+
 def judge(program, name, text, sizes, traces, places, sites):
     """Stops if the kinds that `races` writes of a launch are wrong."""
     with tempfile.TemporaryDirectory() as folder:
@@ -155,7 +167,8 @@ def judge(program, name, text, sizes, traces, places, sites):
     told = [json.loads(line) for line in said.splitlines()]
     why = run.stderr.decode()
     if run.returncode < 2:
-        why = wrong(told, races, places) or wrong_cause(told, sizes, traces) or wrong_arrivals(told, sizes, traces, sites)
+        why = wrong(told, races, places) or wrong_cause(told, sizes, traces)
+        why = why or wrong_findings(told, sizes, traces) or wrong_arrivals(told, sizes, traces, sites)
     if why:
         pathlib.Path("different").write_text(f"{name}: {why}\n\nplaces:\n{lines}\nsaid:\n{said}\n{text}", encoding="utf-8")
         sys.exit(f"{name}: {why} (see the file `different`)")
@@ -179,7 +192,7 @@ def main():
         sites = {site: f"kernel.cl:{10 + site}" for site in (0, 1, 7) if choose.random() < 0.5}
         judge(arguments.program, f"seed {seed}", text, sizes, traces, places, sites)
     tried = f"{len(examples)} examples and {arguments.launches} launches"
-    print(f"{tried}: each pair that races is shown, with its cause, and no other, and what came to divergent barriers")
+    print(f"{tried}: each pair that races is shown, with its cause, and no other, with all other findings and what came to divergent barriers")
 
 
 if __name__ == "__main__":
