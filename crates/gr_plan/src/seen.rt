@@ -69,6 +69,21 @@ impl Sought {
         }
     }
 
+    /// Reports that its group has no such item, or that the item has fewer records.
+    fn report_item(&self, at: ItemId, errors: &mut Stderr) -> io::Result<()> {
+        let (ItemId { group, item }, records) = (at, self.seen);
+        match self.items {
+            Some(items) if items <= item => writeln!(
+                errors,
+                "gpurace: group {group} has no item {item}: its items are below {items}"
+            ),
+            Some(_) | None => writeln!(
+                errors,
+                "gpurace: item {item} of group {group} has fewer records: {records}"
+            ),
+        }
+    }
+
     /// Reports if no record accesses the word, or if the record is not there, and if records were lost that may.
     pub fn report(&self, errors: &mut Stderr) -> io::Result<()> {
         if matches!(self.asked, Asked::Record(event) if event.index < self.seen) {
@@ -82,30 +97,17 @@ impl Sought {
                 "gpurace: records of {groups} groups were lost (the first is group {group})"
             )?,
         }
-        match (self.asked, self.group(), self.items) {
-            (_, Some(group), None) => {
+        match (self.group(), self.asked) {
+            (Some(group), _) if self.items.is_none() => {
                 writeln!(errors, "gpurace: the launch has no group {group}")
             }
-            (Asked::Record(event), _, Some(items)) if items <= event.at.item => {
-                let ItemId { group, item } = event.at;
-                writeln!(
-                    errors,
-                    "gpurace: group {group} has no item {item}: its items are below {items}"
-                )
-            }
-            (Asked::Record(event), _, _) => {
-                let (ItemId { group, item }, records) = (event.at, self.seen);
-                writeln!(
-                    errors,
-                    "gpurace: item {item} of group {group} has fewer records: {records}"
-                )
-            }
+            (_, Asked::Record(EventId { at, .. })) => self.report_item(at, errors),
             _ if self.seen > 0 => Ok(()),
-            (Asked::Word(Word::Global(word)), _, _) => writeln!(
+            (_, Asked::Word(Word::Global(word))) => writeln!(
                 errors,
                 "gpurace: no record accesses word {word} of global memory"
             ),
-            (Asked::Word(Word::Local(group, word)), _, _) => writeln!(
+            (_, Asked::Word(Word::Local(group, word))) => writeln!(
                 errors,
                 "gpurace: no record accesses word {word} of group {group}'s local memory"
             ),
