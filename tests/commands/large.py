@@ -225,7 +225,7 @@ class Groups(ProgramTest):
         text = f"file group63\nrecord 63 byte 1272\nwrong: {wrong}\nright: {right}\n"
         self.assert_run(self.gpurace("check", *self.names), fault + text.encode(), 2)
         place = {"byte": 1_272, "file": "group63", "record": 63, "stream": 63}
-        line = line_of_json(accepted=False, place=place, right=right, type="check", wrong=wrong)
+        line = line_of_json(accepted=False, fault="stream 63: bad field 11", place=place, right=right, type="check", wrong=wrong)
         self.assert_run(self.gpurace("check", "--json", *self.names), line.encode(), 2)
 
     def test_a_missing_group_of_64(self):

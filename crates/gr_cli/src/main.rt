@@ -9,7 +9,7 @@ use gr_command::status::{FAILED, FOUND, NOTHING, REFUSED, USAGE, status_of_sides
 use gr_model::memory::Memory;
 use gr_places::escaped::Escaped;
 use gr_places::sides_fault::{SidesFault, write_sides_fault};
-use gr_plan::notes::{note_buffers, report};
+use gr_plan::notes::{note_buffers, note_no_command, report};
 use gr_plan::plan::{Plan, Refusal, plan_of};
 use gr_plan::progress::{Cleared, Watched};
 use std::env::{self, Args};
@@ -74,6 +74,9 @@ fn conclude(
         Ok(status) => {
             if matches!(status, NOTHING | FOUND | REFUSED) {
                 let _ = plan.note_answer(status == REFUSED, errors);
+            }
+            if status == USAGE {
+                let _ = note_no_command(command, errors);
             }
             if let (Some(note), NOTHING | FOUND) = (&plan.name_note, status) {
                 let _ = writeln!(errors, "gpurace: {}", Escaped(note.as_str()));

@@ -41,9 +41,9 @@ pub fn is_option(word: &str) -> bool {
     word.len() > 1 && word.starts_with('-')
 }
 
-/// Whether a word may be meant as a command: it has only letters, hyphens and low lines.
+/// Whether a word may be meant as a command: it has only small letters and hyphens.
 pub fn may_be_command(word: &str) -> bool {
-    word.bytes().all(|byte| matches!(byte, b'a'..=b'z' | b'A'..=b'Z' | b'-' | b'_'))
+    word.bytes().all(|byte| matches!(byte, b'a'..=b'z' | b'-'))
 }
 
 /// Whether the word after this option is its value.

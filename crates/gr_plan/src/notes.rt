@@ -2,6 +2,7 @@
 
 use crate::account::{Account, begins_stream};
 use crate::files::{FileKind, file_kind, launch_in};
+use crate::line::{is_option, may_be_command, taking_of};
 use crate::plan::Plan;
 use crate::reading::Kept;
 use crate::seen::Seen;
@@ -21,6 +22,16 @@ const PLACES: &str = "its lines are GROUP ITEM INDEX TEXT, or SITE TEXT; TEXT be
 const SITES: &str = "its lines are texts; none is empty or begins with a digit";
 
 const BUFFERS: &str = "its lines are g FIRST WORDS NAME, or l GROUP FIRST WORDS NAME";
+
+/// Reports that no file has the name that was taken for a command, if the first word of a refused line is no command.
+pub fn note_no_command(word: &str, errors: &mut Stderr) -> io::Result<()> {
+    match taking_of(word) {
+        None if may_be_command(word) && word != "help" && !is_option(word) && !word.is_empty() => {
+            note_file(word, "this is no file, either", errors)
+        }
+        Some(_) | None => Ok(()),
+    }
+}
 
 /// Reports something of a file.
 pub fn note_file(name: &str, what: &str, errors: &mut Stderr) -> io::Result<()> {
